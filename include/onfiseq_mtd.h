@@ -24,7 +24,7 @@
 
 enum {
     ONFISEQ_MTD_PARTS = 16,  /**< the most instructions of an operation */
-    ONFISEQ_MTD_ROOM = 65536 /**< the memory of the calls, for as many parts */
+    ONFISEQ_MTD_ROOM = 24576 /**< the memory of the calls, for as many parts */
 };
 
 /** A chip that is checked. before is its record before the last operation. */

@@ -64,7 +64,9 @@ def try_options():
             wrong.append("%s: %s" % (" ".join(options), " ".join(sorted(calls_of(*options) ^ wanted))))
         wrong += filter(None, [why_refused(*options)])
         lines[name or "all"] = run("cc", "-std=c99", "-E", "-P", "-Iinclude", *options, SOURCE)[1].count("\n")
-    wrong += filter(None, [why_refused(), why_refused("-DONFISEQ_THREAD=")])
+    wrong += filter(None, [why_refused(), why_refused("-DONFISEQ_THREAD="), why_refused("-DONFISEQ_UNCHECKED")])
+    if sys.maxsize >> 32 and "processors of 32 bits" not in (why_refused("-DONFISEQ_DIRECT") or ""):
+        wrong.append("addresses of 64 bits are taken for those of 32")
     return wrong, "lines without " + ", ".join("%s %d" % it for it in lines.items())
 
 

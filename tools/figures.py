@@ -14,6 +14,7 @@ import os
 import re
 import subprocess
 import sys
+import tempfile
 from pathlib import Path
 
 ROOT = Path(__file__).resolve().parent.parent
@@ -22,6 +23,15 @@ PAGES = ("docs/use/C.md", "docs/use/SPEED.md")
 HEAD = "# What the libraries for C take, as tools/figures.py --measure found it: a place, what is measured, and the number.\n"
 MADE = re.compile(r"(<!-- figures: (\w+) -->\n).*?(<!-- end -->)", re.S)
 NATIVE, ONE_FILE = "libraries, x86-64", "one C file, x86-64"
+FIRMWARE = {"one C file, firmware ": None, "libraries, firmware ": "out/machines"}
+# What a firmware is to take at most, as goals: over the one C file, and over the libraries.
+GOALS = {
+    "one C file, firmware from_wire": {"flash": "130,000", "RAM": "10,000 beside the records", "a push": "700", "a step": "4,000"},
+    "one C file, firmware checker": {"flash": "40,000", "RAM": "3,000", "a push": "1,500"},
+    "libraries, firmware checker": {"flash": "24,000", "RAM": "2,000", "a push": "1,100"},
+    "one C file, firmware two_dies": {"flash": "48,000", "RAM": "3,000", "a step": "10,000"},
+    "libraries, firmware two_dies": {"flash": "40,000", "RAM": "2,000", "a step": "9,600"},
+}
 COUNTED = {"push": "push", "push_all": "push_all", "push_status": "push_status", "ask": "ask", "check": "check", "step": "step", "verify": "verification"}
 
 
@@ -89,13 +99,24 @@ def table_of_libraries(places):
     return table(["library", "bytes of code", "bytes of stack"], rows) + measured({NATIVE: found}) if names else "They aren't measured with the records of this header.\n"
 
 
+def table_of_firmware(places):
+    """What each firmware takes, beside what it is to take."""
+    rows = []
+    for place in [it for it in GOALS if it in places]:
+        goals, found = GOALS[place], places[place]
+        cells = [found["processor"], number(found, "flash"), goals["flash"], number(found, "RAM"), number(found, "of records"), goals["RAM"]]
+        rows.append([place.replace("firmware ", "`") + "`", *cells, *(cell for it in ("a push", "a step") for cell in (number(found, it), goals.get(it, "")))])
+    heads = ["library, firmware", "processor", "flash", "goal", "RAM", "of it records", "goal", "a push", "goal", "a step", "goal"]
+    return table(heads, rows) + measured({place: places[place] for place in GOALS if place in places})
+
+
 def table_of_records(places):
     """The records that a program keeps, by the header."""
     sizes = dict(re.findall(r"(?m)^ONFISEQ_SIZE\((\w+), (\d+)\);", HEADER.read_text(encoding="utf-8")))
     return f"A channel is a record of {int(sizes['bus']):,} bytes, one with the holder of its bus {int(sizes['live']):,}, and a job {sizes['job']}.\n"
 
 
-TABLES = {"processors": table_of_processors, "memory": table_of_memory, "libraries": table_of_libraries, "records": table_of_records}
+TABLES = {"processors": table_of_processors, "memory": table_of_memory, "libraries": table_of_libraries, "firmware": table_of_firmware, "records": table_of_records}
 
 
 def made(text, places):
@@ -156,12 +177,37 @@ def measure_libraries():
     return found
 
 
+def head_of(compiler):
+    """What a place begins with: when it was measured, of which sources, by which compiler, and with which records."""
+    return {"measured": "%s, %s, %s" % (datetime.date.today().isoformat(), commit(), compiler_of(compiler)), "records": records()}
+
+
+def measure_firmware(places, wanted):
+    """Measures the firmwares over the one C file and over the libraries, where they can be built and run here."""
+    import firmware
+
+    for kind, out in FIRMWARE.items():
+        names = [it for it in firmware.names_over(out) if not wanted or any(word in kind + it for word in wanted)]
+        why = firmware.lacking(out) if names else []
+        if why:
+            print("figures: not measured: %s, as %s isn't there" % (kind.strip(), why[0]), flush=True)
+            continue
+        for name in names:
+            with tempfile.TemporaryDirectory() as room:
+                found, wrong = firmware.measured(name, out, room)
+            if wrong:
+                sys.exit("figures: %s%s: %s" % (kind, name, wrong))
+            places[kind + name] = {**head_of("arm-none-eabi-gcc"), "processor": firmware.FIRMWARES[name].cpu, **found}
+            print("figures: measured: %s" % (kind + name), flush=True)
+
+
 def measure(wanted):
     """Measures each place that can be measured here, or those that are wanted."""
     sys.path[:0] = ["tools/machines/try", "tools/machines", "tools"]
     import cost
 
     places = read()
+    measure_firmware(places, wanted)
     for name, compiler, runs, sources in cost.places("out/machines"):
         place = NATIVE if name == "x86_64-linux" else name if name.startswith("one C file") else "libraries, " + name
         if wanted and not any(it in place for it in wanted):
@@ -170,8 +216,7 @@ def measure(wanted):
         if why:
             print("figures: not measured: %s, as %s isn't there" % (place, why[0]), flush=True)
             continue
-        day = datetime.date.today().isoformat()
-        places[place] = {"measured": "%s, %s, %s" % (day, commit(), compiler_of(compiler[0])), "records": records(), **cost.measure(compiler, runs, sources)}
+        places[place] = {**head_of(compiler[0]), **cost.measure(compiler, runs, sources)}
         places[place].update(measure_calls() if place == ONE_FILE else measure_libraries() if place == NATIVE else {})
         print("figures: measured: %s" % place, flush=True)
     write(places)

@@ -42,11 +42,12 @@ STEPS = {
     "processors": (
         "tools/machines --check",
         "tools/machines/try/retarget.py",
-        "tools/machines --only i686-linux",
+        "tools/machines --only i686-linux,cortex-m0plus",
         "tools/machines/try/compare.py --short",
+        "tools/machines/try/firmware.py out/machines",
     ),
     "clone": ("tools/clone.py",),
-    "c_file": ("tools/c_file.py", "tools/stacks.py --portable", "tools/kernel_module.py"),
+    "c_file": ("tools/c_file.py", "tools/stacks.py --portable", "tools/kernel_module.py", "tools/machines/try/firmware.py", "tools/machines/try/forms.py 20000"),
     "builds": (
         "make -s -j4",
         "tools/compare_builds.py --made 500",

@@ -1,4 +1,4 @@
-/* Start-up code for a Cortex-M: the vectors, the memory as C wants it, a painted stack, and the two functions that the libraries call. */
+/* Start-up code for a Cortex-M: the vectors, the memory as C wants it, and a painted stack. */
 #include "board.h"
 
 extern uint32_t stack_bottom, stack_top, data_begin, data_end, data_image, bss_begin, bss_end;
@@ -18,6 +18,9 @@ void reset(void) {
     end_board(run());
 }
 
+/* What the calls come to where they can't go on, which the proofs exclude. */
+void abort(void) { end_board(1); }
+
 /* A fault of the processor, as where the stack is too small for this firmware. */
 static void fault(void) { end_board(1); }
 
@@ -33,24 +36,3 @@ __attribute__((section(".vectors"), used)) static const struct {
     uint32_t *stack;
     void (*handlers[15])(void);
 } vectors = {&stack_top, {reset, fault, fault, fault, fault, fault, 0, 0, 0, 0, fault, fault, 0, fault, fault}};
-
-void *memcpy(void *restrict to, const void *restrict from, size_t count) {
-    uint8_t *at = to;
-    const uint8_t *next = from;
-    while (count-- > 0) *at++ = *next++;
-    return to;
-}
-
-void *memset(void *to, int byte, size_t count) {
-    uint8_t *at = to;
-    while (count-- > 0) *at++ = (uint8_t)byte;
-    return to;
-}
-
-/* What the ABI of ARM has compilers call for memory that is copied or cleared; 4 and 8 say how it is aligned. */
-void __aeabi_memcpy(void *to, const void *from, size_t count) { memcpy(to, from, count); }
-void __aeabi_memcpy4(void *, const void *, size_t) __attribute__((alias("__aeabi_memcpy")));
-void __aeabi_memcpy8(void *, const void *, size_t) __attribute__((alias("__aeabi_memcpy")));
-void __aeabi_memclr(void *at, size_t count) { memset(at, 0, count); }
-void __aeabi_memclr4(void *, size_t) __attribute__((alias("__aeabi_memclr")));
-void __aeabi_memclr8(void *, size_t) __attribute__((alias("__aeabi_memclr")));

@@ -10,6 +10,6 @@ static void *lent_room(void) { return __this_cpu_read(onfiseq_mtd_room); }
 #define ONFISEQ_WITHOUT_TEXT
 #define ONFISEQ_WITHOUT_LIVE
 #define ONFISEQ_STACK ONFISEQ_STACK_OP(16)
-#define ONFISEQ_MEMORY 65536
+#define ONFISEQ_MEMORY 24576
 #define ONFISEQ_ROOM lent_room
 #include "onfiseq.c"

@@ -7,11 +7,12 @@ import sys
 
 import calls
 import memory
+import places
 import portable
 import retarget
 import stamp
 from kit import AARCH64
-from targets import FLAGS, LIBRARIES, MODULES, TARGETS, WASM
+from targets import FLAGS, LIBRARIES, MODULES, MOVED, TARGETS, WASM
 
 HERE = os.path.dirname(os.path.abspath(__file__))
 HEADER = "include/onfiseq.h"
@@ -26,6 +27,11 @@ def write(path, text):
 
 def read(path):
     with open(path) as it:
+        return it.read()
+
+
+def read_bytes(path):
+    with open(path, "rb") as it:
         return it.read()
 
 
@@ -110,15 +116,17 @@ class Building:
         helper = self.path("wasm", "multi3.o")
         run([self.kit.tool("clang"), *WASM, "-ffreestanding", "-c", HERE + "/c/multi3.c", "-o", helper])
         for module, (names, stack) in MODULES.items():
-            self.link(module + ".wasm", stack, [objects[name] for name in names] + [helper])
+            self.link(self.path("wasm", module + ".wasm"), stack, [objects[name] for name in names] + [helper])
+        names, stack = MODULES["onfiseq"]
+        self.link(self.path("portable", "moved.wasm"), stack + MOVED, [objects[name] for name in names] + [helper])
         for it in [*objects.values(), helper]:
             os.remove(it)
         self.stamp("wasm")
 
-    def link(self, name, stack, objects):
+    def link(self, path, stack, objects):
         """Links a module with a stack of so many bytes below its data."""
-        path = self.path("wasm", name)
         exports = ["--export-if-defined=w_" + it for it in self.calls()] + ["--export=__heap_base", "--gc-sections", "--import-undefined"]
+        os.makedirs(self.path("portable"), exist_ok=True)
         run([self.kit.tool("ld.lld"), "-flavor", "wasm", "--no-entry", "--stack-first", "-z", "stack-size=%d" % stack, *exports, *objects, "-o", path])
         tell(path)
 
@@ -127,16 +135,19 @@ class Building:
         if shutil.which("wasm2c") is None:
             print("machines: skipped: the portable C file, as wasm2c (Debian's wabt) isn't installed", flush=True)
             return
-        self.portable_file("onfiseq.wasm", "onfiseq.c")
+        links = [self.path("wasm", "onfiseq.wasm"), self.path("portable", "moved.wasm")]
+        marking = places.Marking(*map(self.text_of, links), *map(read_bytes, links))
+        write(self.path("portable", "onfiseq.c"), portable.written(HEADER, marking))
+        os.remove(links[1])
+        tell(self.path("portable", "onfiseq.c"))
         shutil.copy(HEADER, self.path("portable"))
         self.stamp("portable", ["wasm2c " + stamp.version_of(["wasm2c", "--version"])])
 
-    def portable_file(self, module, name):
-        """The C file of a module."""
-        raw = self.path("portable", "module.c")
-        os.makedirs(self.path("portable"), exist_ok=True)
-        run(["wasm2c", "-n", "onfiseq", self.path("wasm", module), "-o", raw])
-        write(self.path("portable", name), portable.written(HEADER, raw))
-        os.remove(raw)
-        os.remove(raw[:-2] + ".h")
-        tell(self.path("portable", name))
+    def text_of(self, module):
+        """What wasm2c writes of a module."""
+        made = self.path("portable", "made.c")
+        run(["wasm2c", "-n", "onfiseq", module, "-o", made])
+        text = read(made)
+        os.remove(made)
+        os.remove(made[:-2] + ".h")
+        return text

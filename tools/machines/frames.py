@@ -14,7 +14,7 @@ FRAME = re.compile(r"= it->stack_pointer;\n\w+ = (\d+)u;\n\w+ -= \w+;\n")
 LUNS, ROWS, PLANES, BYTES, ADDRESSES, BURSTS = 5, 5, 5, 8, 6, 4
 DEPTHS = {
     "driver": LUNS, "first_driver": LUNS, "find_work": LUNS, "change_each": LUNS, "change_drivers": LUNS, "change_apart": LUNS, "push_pages": LUNS,
-    "queue_rows": ROWS, "take_effect": ROWS, "page_in_plane": PLANES, "try_cycles": BYTES, "try_addresses": ADDRESSES, "try_bursts": BURSTS,
+    "add_rows": ROWS, "take_effect": ROWS, "page_in_plane": PLANES, "try_cycles": BYTES, "try_addresses": ADDRESSES, "try_bursts": BURSTS,
     "find_between": 33,  # it halves a number of 32 bits
     # a tree of blocks or pages: each node but the first has six at least, and all of them stand in 2 GB
     "destroy": 16, "clone_in": 16, "take_at": 16, "pop_last": 16, "make_room": 16,

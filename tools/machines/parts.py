@@ -64,33 +64,39 @@ def switches(found):
 
 def usual_stack(found):
     """ONFISEQ_STACK where nothing is said: the most of the sets that are there."""
-    lines, order = ["#ifndef ONFISEQ_STACK", "#if !ONFISEQ_MEMORY", "#define ONFISEQ_STACK %d" % USUAL_STACK], sorted(found, key=lambda name: -found[name][0])
+    lines, order = ["#ifndef ONFISEQ_STACK", "#if !ONFISEQ_MEMORY && !IS_DIRECT", "#define ONFISEQ_STACK %d" % USUAL_STACK], sorted(found, key=lambda name: -found[name][0])
     for name in order:
         part = SETS[name][0]
         lines += ["#elif HAS_" + part if part else "#else", "#define ONFISEQ_STACK ONFISEQ_STACK_" + name]
         if not part:
             break
-    return lines + ["#endif", "#endif"]
+    return lines + ["#endif", "#endif", "#define STACK_BYTES (((ONFISEQ_STACK) + 15u) / 16u * 16u)"]
 
 
-def refusals(found, data, room, end):
-    """Memory and stack that are too small, or a stack that is too large: an error of the compiler that names the least."""
-    beside = 16 + data + 8 + room + 16  # the marks, the data, what stands behind the last number, and where the first record begins
-    lines = ["#define STACK_END %du" % end, "#define STACK_BYTES (((ONFISEQ_STACK) + 15u) / 16u * 16u)"]
-    least, its = min((most, name) for name, (most, _) in found.items())
-    lines += ["#if ONFISEQ_STACK < %d" % least, '#error "ONFISEQ_STACK is too small: the least is %d, which is ONFISEQ_STACK_%s"' % (least, its), "#endif"]
-    lines += ["#if ONFISEQ_STACK > %d" % end, '#error "ONFISEQ_STACK is too large: the most is %d"' % end, "#endif"]
+def too_small(stacks, beside):
+    """Memory that is too small for the stack and what stands beside it: an error of the compiler that names the least. Without a word, it is the least."""
+    lines = ["#ifndef ONFISEQ_MEMORY", "#define ONFISEQ_MEMORY (STACK_BYTES + %du)" % beside, "#endif"]
     lines += ["#if ONFISEQ_MEMORY && ONFISEQ_MEMORY < STACK_BYTES + %d" % beside]
     word = "if"
-    for stack in sorted({most for most, _ in found.values()}):
+    for stack in stacks:
         lines += ["#%s ONFISEQ_STACK == %d" % (word, stack), '#error "ONFISEQ_MEMORY is too small: the least is %d"' % ((stack + 15) // 16 * 16 + beside)]
         word = "elif"
     return lines + ["#else", '#error "ONFISEQ_MEMORY is too small: the least is ONFISEQ_STACK and %d"' % (beside + 15), "#endif", "#endif"]
 
 
-def numbers(module, text, room):
-    """The parts that are there, the stack of each set of calls, and the least memory."""
-    end, base = (int(re.search(r"it->%s = (\d+)u;" % name, text).group(1)) for name in ("stack_pointer", "heap_base"))
+def refusals(found, data, room, end):
+    """Memory and stack that are too small, or a stack that is too large: an error of the compiler that names the least."""
+    direct = 16 + 8  # the marks, and a gap so that the stack ends at a multiple of 16
+    copied = 16 + data + 8 + room + 16  # the marks, the data, what stands behind the last number, and where the first record begins
+    least, its = min((most, name) for name, (most, _) in found.items())
+    lines = ["#if ONFISEQ_STACK < %d" % least, '#error "ONFISEQ_STACK is too small: the least is %d, which is ONFISEQ_STACK_%s"' % (least, its), "#endif"]
+    lines += ["#if ONFISEQ_STACK > %d" % end, '#error "ONFISEQ_STACK is too large: the most is %d"' % end, "#endif"]
+    stacks = sorted({most for most, _ in found.values()})
+    return lines + ["#if IS_DIRECT", *too_small(stacks, direct), "#else", *too_small(stacks, copied), "#endif"]
+
+
+def numbers(module, begin, end, room):
+    """The parts that are there, the stack of each set of calls, and the least memory; the module's data stand from `begin` to `end`."""
     found = stacks(module)
     lines = ["/* ---- the parts that are there, and what their calls take */", "", *switches(found), ""]
     lines.append("/* The stack of each set of calls, in bytes: the most that any of them can take. */")
@@ -98,7 +104,8 @@ def numbers(module, text, room):
         calls = ", ".join("onfiseq_" + it for it in names_of(module) if set_of(it) == name)
         parts = ("(parts)", "(%d + %d * (parts))" % (most, each)) if each else ("", "%d" % most)
         lines.append("#define ONFISEQ_STACK_%s%s %s /* %s */" % (name, *parts, calls))
-    return "\n".join(lines + usual_stack(found) + refusals(found, base - end, room, end)) + "\n"
+    lines += ["#define STACK_END %du" % begin, "#define DATA_END %du" % end]
+    return "\n".join(lines + usual_stack(found) + refusals(found, end - begin, room, begin)) + "\n"
 
 
 def condition_of(wanted):

@@ -1,9 +1,7 @@
 """Writes the one C file that gives the calls of onfiseq.h on whatever has a C compiler.
 
-    python3 tools/machines/portable.py include/onfiseq.h MODULE.c > onfiseq.c      MODULE.c is what `wasm2c -n onfiseq MODULE.wasm` wrote
-
 The file is c/portable_head.c, the functions of the module, c/portable_shim.c, and for each call a function that copies what it is given into the module's memory
-and what it answers out of it.
+and what it answers out of it; where the module's addresses are the processor's own, nothing is copied.
 """
 import os
 import re
@@ -12,6 +10,7 @@ import sys
 import frames
 import header
 import parts
+import places
 import runs
 
 HERE = os.path.dirname(os.path.abspath(__file__))
@@ -21,9 +20,9 @@ NUMBERS = "/* NUMBERS */\n"  # where c/portable_head.c has what parts.py says
 WRITTEN_ALONE = ("onfiseq_spot", "onfiseq_run")
 
 # What c/portable_head.c has of the names that wasm2c's functions use; a module that uses another is refused.
-KNOWN = {"sizeof", "if", "switch", "memory_fill", "memory_copy", "init_globals", "init_memories", "LOAD_DATA", "DIV_U", "REM_U"}
-KNOWN |= {"i%d_%s" % (bits, name) for bits in (32, 64) for name in ("load", "store", "load8_u", "load16_u", "load8_s", "load16_s", "store8", "store16")}
-KNOWN |= {"fill_zeros", "copy_bytes", "i64_load32_u", "i64_load32_s", "i64_store32", "module_alloc", "module_realloc", "module_dealloc"}
+KNOWN = {"if", "switch", "memory_fill", "memory_copy", "DATA", "ADDRESS", "DIV_U", "REM_U", "module_alloc", "module_realloc", "module_dealloc"}
+KNOWN |= {"fill_zeros", "copy_bytes"}
+KNOWN |= {name + "_align%d" % part if part < size else name for name, size in places.NUMBERS.values() for part in (1, 2, 4, 8)}
 KNOWN |= {"I%d_%s" % (bits, name) for bits in (32, 64) for name in ("CLZ", "CTZ", "POPCNT", "ROTL", "ROTR")}
 
 
@@ -33,26 +32,23 @@ def read(path):
 
 
 def functions_of(text):
-    """Of what wasm2c wrote: the prototypes of the functions, the data, and the functions; without its helpers, its table of types and its exports."""
+    """Of what wasm2c wrote: the prototypes of the functions, the data, and the functions; without its helpers, its table of types, what begins a module, and its exports."""
     text = text.split("DEFINE_TABLE_FILL(externref)")[1]
     begin = re.search(r"(?m)^static \w+ w2c_\w+\(Z_onfiseq_instance_t\*", text).start()
-    return text[begin : text.index("/* export:")]
+    return re.sub(r"(?ms)^static void init_\w+\([^;{]*(?:;\n|\{.*?^\}\n)", "", text[begin : text.index("/* export:")])
 
 
 def shortened(text):
     """The functions under shorter names, a line as short as it may be."""
     changes = (
         (r"\bZ_onfiseq_instance_t(?=\b)", "struct module"),
-        (r"\binstance->w2c___(stack_pointer|heap_base)\b", r"it->\1"),
+        (r"\binstance->w2c___stack_pointer\b", "it->stack_pointer"),
         (r"\binstance->w2c_memory\b", "it->memory"),
         (r"\binstance->Z_env_instance\b", "it"),
         (r"\binstance\b", "it"),
         (r"\bZ_envZ_w_rattle_(alloc|realloc|dealloc)\b", r"module_\1"),
         (r"\bw2c_([a-zA-Z]\d+)\b", r"\1"),
-        (r"(?m)^ *wasm_rt_allocate_memory\(.*\n", ""),
         (r"(?m)^ *FUNC_(PROLOGUE|EPILOGUE);\n", ""),
-        (r"static void init_data_instances\(struct module \*it\) \{\s*\}\n", ""),
-        (r"LOAD_DATA\(it->memory, (\w+), (\w+), (\w+)\)", r"memcpy(place(&it->memory, \1, \3), \2, \3)"),
         (r"(?m)^ +", ""),
         (r"\n{2,}", "\n"),
     )
@@ -70,7 +66,7 @@ def told_unused(found):
 def refuse_unknown(text):
     """Ends where the functions use what c/portable_head.c hasn't."""
     used = {name for name in re.findall(r"\b([A-Za-z]\w*)\(", text) if not name.startswith("w2c_")}
-    unknown = used - KNOWN - {"memcpy", "place"}
+    unknown = used - KNOWN
     if unknown:
         sys.exit("portable: the module needs %s" % ", ".join(sorted(unknown)))
 
@@ -110,11 +106,11 @@ class Shim:
 
     def __init__(self, name, call, records, stack):
         self.name, self.call, self.records, self.stack = name, call, records, stack
-        self.given, self.cleared, self.rooms, self.before, self.after, self.words = [], [], [], [], [], ["&it"]
+        self.given, self.wide, self.cleared, self.rooms, self.before, self.after, self.words = [], [], [], [], [], [], ["&it"]
         self.record_room, self.slice_rooms = 0, []
         self.is_by_room = call["answer"] in records
         if self.is_by_room:
-            self.take_room("answer", records[call["answer"]]["size"])
+            self.take_room("answer", "&answer", records[call["answer"]]["size"])
             self.words.append("(u32)at_answer")
         for it in call["given"]:
             self.take(it)
@@ -131,11 +127,11 @@ class Shim:
             self.take_record(it)
         self.words.append("(u32)at_" + it["name"] if star else it["name"])
 
-    def take_room(self, name, size):
+    def take_room(self, name, value, size):
         """Room for a value of a size that is known."""
         self.rooms.append(name)
         self.record_room += rounded(size)
-        self.before.append("at_%s = take_room(&it, %d);" % (name, rounded(size)))
+        self.before.append("at_%s = lend(&it, %s, %d);" % (name, value, rounded(size)))
 
     def take_slice(self, it):
         """Bytes, or items, which are bytes too."""
@@ -143,23 +139,24 @@ class Shim:
         room, size = "room_of(%s, %d)" % (it["length"], each), "(u64)%s * %d" % (it["length"], each)
         self.rooms.append(it["name"])
         self.slice_rooms.append(room)
-        self.before.append("at_%s = take_room(&it, %s);" % (it["name"], room))
+        self.before.append("at_%s = lend(&it, %s, %s);" % (it["name"], it["name"], room))
         self.before.append("put_bytes(&it, at_%s, %s, %s);" % (it["name"], it["name"], size))
         if not it["const"]:
             self.after.append("get_bytes(&it, at_%s, %s, %s);" % (it["name"], it["name"], size))
 
     def take_count(self, it):
-        """A count that the call writes."""
+        """A count that the call writes, in 64 bits."""
         self.cleared.append("*%s = 0;" % it["name"])
-        self.take_room(it["name"], 8)
-        self.before.append("i64_store(&it.memory, at_%s, 0);" % it["name"])
+        self.wide.append("u64 wide_%s = 0;" % it["name"])
+        self.take_room(it["name"], "&wide_" + it["name"], 8)
+        self.before.append("put_bytes(&it, at_%s, &wide_%s, 8);" % (it["name"], it["name"]))
         self.after.append("*%s = (size_t)i64_load(&it.memory, at_%s);" % (it["name"], it["name"]))
 
     def take_record(self, it):
         """A record; one that the call writes alone is empty where there is no memory for it."""
         if it["kind"] in WRITTEN_ALONE:
             self.cleared.append("memset(%s, 0, sizeof *%s);" % (it["name"], it["name"]))
-        self.take_room(it["name"], self.records[it["kind"]]["size"])
+        self.take_room(it["name"], it["name"], self.records[it["kind"]]["size"])
         self.before.append("put_%s(&it, at_%s, %s);" % (it["kind"], it["name"], it["name"]))
         if not it["const"]:
             self.after.append("get_%s(&it, at_%s, %s);" % (it["kind"], it["name"], it["name"]))
@@ -189,7 +186,7 @@ class Shim:
         call = "%s%s(%s)" % (PREFIX, self.name, ", ".join(self.words))
         room = " + ".join(["%d" % self.record_room] * (self.record_room != 0) + self.slice_rooms) or "0"
         lines = ["%s %s(%s) {" % (header.c_type(answer), self.name, ", ".join(self.given) or "void")]
-        lines += ["    struct module it;", "    %s answer;" % header.c_type(answer)] + ["    u64 at_%s;" % name for name in self.rooms]
+        lines += ["    struct module it;", "    %s answer%s;" % (header.c_type(answer), " ALIGNED_TO_8" * self.is_by_room)] + ["    u64 at_%s;" % name for name in self.rooms] + ["    " + line for line in self.wide]
         lines += ["    " + line for line in told + self.cleared]
         lines += ["    if (!begin_call(&it, %s, %s)) return %s;" % (self.stack_taken(), room, refused)] + ["    " + line for line in self.before]
         lines += ["    %s;" % call, "    get_%s(&it, at_answer, &answer);" % answer] if self.is_by_room else ["    answer = (%s)%s;" % (answer, call)]
@@ -205,24 +202,16 @@ def needed_records(calls, records):
     return [name for name in records if name in wanted]
 
 
-def written(header_path, module_path):
-    """The C file."""
-    return written_around(runs.all_joined(shortened(functions_of(read(module_path)))), header_path)
-
-
-def written_around(text, header_path):
-    """The C file around a module's functions."""
+def written(header_path, marking):
+    """The C file of a module."""
     records, every = header.read(header_path)
+    text = marking.declaration() + runs.all_joined(shortened(functions_of(marking.functions())))
     module = frames.Module(text)
     refuse_unknown(text)
     calls = {name: call for name, call in every.items() if PREFIX + name in module.texts}
     shims = {name: Shim(name, call, records, module.most(PREFIX + name)) for name, call in calls.items()}
     head, rest = read(HERE + "/c/portable_head.c").split(NUMBERS)
-    made = [head, parts.numbers(module, text, max(it.record_room for it in shims.values())), rest, parts.functions(module, text), read(HERE + "/c/portable_shim.c")]
-    made += ["\n".join(movers_of(name, records[name])) for name in needed_records(calls, records)]
+    made = [head, parts.numbers(module, marking.begin, marking.end(), max(it.record_room for it in shims.values())), rest, parts.functions(module, text)]
+    made += [read(HERE + "/c/portable_shim.c"), *("\n".join(movers_of(name, records[name])) for name in needed_records(calls, records))]
     made += ["", "/* ---- the calls */", "", parts.calls({name: it.lines() for name, it in shims.items()})]
     return "\n".join(made) + "\n"
-
-
-if __name__ == "__main__":
-    sys.stdout.write(written(*sys.argv[1:3]))

@@ -16,8 +16,8 @@ FOLDER = "release"
 HERE = os.path.relpath(os.path.dirname(os.path.abspath(__file__)))
 
 # What shapes the files beside the crates: a change of one of them makes release/ another.
-MAKERS = ("header.py", "lines.py", "retarget.py", "portable.py", "runs.py", "frames.py", "parts.py", "targets.py", "c/multi3.c", "c/portable_head.c", "c/portable_shim.c")
-PROGRAM_MAKERS = ("program.py", "wasm.py", "wasm_c.py", "c/module.h", "c/system.c", "c/int128.c")
+MAKERS = ("header.py", "lines.py", "retarget.py", "portable.py", "runs.py", "places.py", "wasm.py", "frames.py", "parts.py", "targets.py", "c/multi3.c", "c/portable_head.c", "c/portable_shim.c")
+PROGRAM_MAKERS = ("program.py", "wasm_c.py", "c/module.h", "c/system.c", "c/int128.c")
 PAGE_MAKERS = ("page/system.js", "page/page.py", "page/playground.html.in", "page/playground.js")
 
 

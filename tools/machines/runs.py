@@ -5,11 +5,11 @@ wasm2c's variables i0, i1 and j1 are a stack of values, which is empty behind su
 """
 import re
 
-ZERO = re.compile(r"i0 = (\w+);\n(?:j1 = 0ull|i1 = 0u);\ni(32|64)_store(8|16|32|)\(&it->memory, \(u64\)\(i0\)(?: \+ (\d+))?, [ij]1\);\n")
+ZERO = re.compile(r"i0 = (\w+);\n(?:j1 = 0ull|i1 = 0u);\ni(32|64)_store(8|16|32|)(?:_align\d)?\(&it->memory, \(u64\)\(i0\)(?: \+ (\d+))?, [ij]1\);\n")
 FILL = re.compile(r"i0 = (\w+);\n(?:i1 = (\d+)u;\ni0 \+= i1;\n)?i1 = 0u;\ni2 = (\d+)u;\nmemory_fill\(&it->memory, i0, i1, i2\);\n")
 COPY = re.compile(
-    r"i0 = (\w+);\ni1 = (\w+);\n[ij]1 = i(32|64)_load(8|16|32|)(?:_u|_s)?\(&it->memory, \(u64\)\(i1\)(?: \+ (\d+)u)?\);\n"
-    r"i\3_store\4\(&it->memory, \(u64\)\(i0\)(?: \+ (\d+))?, [ij]1\);\n"
+    r"i0 = (\w+);\ni1 = (\w+);\n[ij]1 = i(32|64)_load(8|16|32|)(?:_u|_s)?(?:_align\d)?\(&it->memory, \(u64\)\(i1\)(?: \+ (\d+)u)?\);\n"
+    r"i\3_store\4(?:_align\d)?\(&it->memory, \(u64\)\(i0\)(?: \+ (\d+))?, [ij]1\);\n"
 )
 COPIES = re.compile(
     r"i0 = (\w+);\n(?:i1 = (\d+)u;\ni0 \+= i1;\n)?i1 = (\w+);\n(?:i2 = (\d+)u;\ni1 \+= i2;\n)?i2 = (\d+)u;\nmemory_copy\(&it->memory, &it->memory, i0, i1, i2\);\n"

@@ -24,3 +24,5 @@ WASM = ["--target=wasm32-unknown-unknown", "-mcpu=lime1", "-O2"]
 
 # The modules: their libraries, and the bytes of their stack.
 MODULES = {"onfiseq": (PORTABLE, 2621440), "whole": (LIBRARIES, 2621440)}
+# How much further up the data stand in the second link, by which places.py tells their addresses.
+MOVED = 65536

@@ -1,27 +1,54 @@
 -- A channel in the caller's memory to which nothing has happened.
-use Rattle.std.proofs.Common.{◌≡◌, ℕ, zero, suc, ◌+◌, ◌<◌, ◌≤◌, [], ◌∷◌, length, map, take, replicate, refl, arith, false}
+use Rattle.std.proofs.Common.{◌≡◌, ℕ, zero, suc, ◌+◌, ◌<◌, ◌≤◌, List, [], ◌∷◌, length, map, take, replicate, refl, arith}
 use Rattle.std.specs.List.{All}
 use Rattle.nand_geometry.specs.declared.parts.Parts.{Parts}
-use Rattle.nand_geometry.specs.Optional.{no_optional}
 use Rattle.nand_geometry.specs.Limits.{InLimits}
 use Rattle.onfi_cycle.specs.Lun.{views_from}
 use Rattle.onfi_cycle.specs.State.{Follows, target_view, targets_from}
 use Rattle.onfi_cycle.proofs.Following.{beginning}
-use Rattle.target_record.specs.Record.{HasRoom, target_of}
+use Rattle.target_record.specs.Record.{luns_of, target_of}
 use Rattle.target_record.specs.Geometry.{parts_of}
 use Rattle.bus_record.specs.Bus.{IsSound, bus_view}
 use Rattle.target_record.specs.Record.{IsTarget}
+use Rattle.target_record.specs.declared.record.OnfiseqLun.{OnfiseqLun}
 use Rattle.target_record.specs.declared.record.OnfiseqTarget.{OnfiseqTarget}
 use Rattle.target_record.specs.declared.geometry.OnfiseqGeometry.{OnfiseqGeometry}
 
-pub fresh_room : (g : Parts) (ce count n : ℕ) → All HasRoom (views_from g [] ce count n)
-fresh_room g ce zero n k d h = absurd (omega arith)
-fresh_room g ce (suc count) n zero d h = (omega arith, omega arith)
-fresh_room g ce (suc count) n (suc k) d h = let low : k < length (views_from g [] ce count (n + 1)) = omega (arith, h) in fresh_room g ce count (n + 1) k d low
+-- what stands in the places of the LUNs of a target to which nothing has happened
+abbrev free_lun : ℕ → OnfiseqLun
+free_lun selected = record {
+  latch = 0;
+  busy = 0;
+  has_closer = 0;
+  closer = 0;
+  array_busy = 0;
+  register = 0;
+  has_column = 0;
+  lost = 0;
+  column = 0;
+  array_block = 0;
+  array_page = 0;
+  register_block = 0;
+  selected = selected;
+  overlapped = 0;
+  register_page = 0;
+  outputs = 0;
+  queued = 0;
+  queue = replicate 4 (record { page = 0; block = 0; kind = 0 });
+  holds = 0;
+  held = replicate 4 (record { page = 0; block = 0 });
+}
 
--- any geometry of so many LUNs will do
-abbrev pub some_geometry : ℕ → Parts
-some_geometry luns = record { page_bytes = 0; spare_bytes = 0; pages = 0; blocks = 0; luns = luns; plane_bits = 0; enhanced = false; multi_plane = false; cache = false; optional = no_optional }
+abbrev fresh_luns : List OnfiseqLun
+fresh_luns = free_lun 1 ∷ free_lun 0 ∷ free_lun 0 ∷ free_lun 0 ∷ []
+
+pub fresh_are : (g : Parts) (ce n : ℕ) → n ≤ 4 → luns_of (take n fresh_luns) ≡ views_from g [] ce n 0
+fresh_are g ce zero h = refl
+fresh_are g ce (suc zero) h = refl
+fresh_are g ce (suc (suc zero)) h = refl
+fresh_are g ce (suc (suc (suc zero))) h = refl
+fresh_are g ce (suc (suc (suc (suc zero)))) h = refl
+fresh_are g ce (suc (suc (suc (suc (suc n))))) h = absurd (omega (arith, h))
 
 same_views : (g : Parts) (t : OnfiseqTarget) → ((ce : ℕ) → target_of t ≡ target_view g [] ce) → (n m k : ℕ) → n ≤ m → map target_of (take n (replicate m t)) ≡ targets_from g [] n k
 same_views g t all zero m k h = refl

@@ -24,10 +24,10 @@ use crate::item::OnfiseqItem;
 use crate::luns_change::{end_array_work_of, end_work_of};
 use crate::target_change::{apply_address, apply_command, apply_input, apply_output};
 use nand_geometry::{Geometry, Optional, PageFault};
-use onfi_cycle::{Command, Cycle, Failures, Forbidden, Item, Kind, READ_STATUS, TargetState};
+use onfi_cycle::{Command, Cycle, Failures, Forbidden, Item, Kind, READ_STATUS};
 use target_record::{
     NO_TARGET, OnfiseqGeometry, OnfiseqTarget, are_numbers, is_whole, judge_address_of,
-    judge_command_of, judge_input_of, judge_output_of, judge_there, record_of,
+    judge_command_of, judge_input_of, judge_output_of, judge_there,
 };
 
 // What stands first in a record that a call left: `OBUS`.
@@ -58,60 +58,31 @@ pub struct OnfiseqBus {
     pub targets: [OnfiseqTarget; 4],
 }
 
-// The record of no channel.
-fn no_channel(geometry: OnfiseqGeometry) -> OnfiseqBus
-    ensures count { result.count ≡ 0 }
-    ensures magic { is_bus result ≡ true }
-    ensures sound { IsSound result }
-{
-    OnfiseqBus {
-        magic: MAGIC,
-        geometry,
-        count: 0,
-        targets: [NO_TARGET; 4],
-    }
-}
-
-/// The record of a target to which nothing has happened.
+/// The record of a target to which nothing has happened: its first LUN is selected.
 pub(crate) fn fresh_target(luns: u8) -> OnfiseqTarget
     requires { luns ≤ 4 }
     ensures value { (g : Parts) (ce : ℕ) → g.luns ≡ luns → target_of result ≡ target_view g [] ce }
     ensures numbers { IsTarget result }
 {
-    record_of(&TargetState::new(luns))
+    let mut kept = NO_TARGET;
+    kept.count = usize::from(luns);
+    kept.luns[0].selected = 1;
+    kept
 }
 
-// A channel of so many targets with so many LUNs.
-fn fresh(geometry: OnfiseqGeometry, targets: u8, luns: u8) -> OnfiseqBus
-    requires limits { InLimits (parts_of geometry) }
-    requires luns { (parts_of geometry).luns ≡ luns }
+/// The record becomes that of a channel of so many targets, to which nothing has happened.
+pub fn renew(bus: &mut OnfiseqBus, geometry: &OnfiseqGeometry, targets: u8)
+    requires limits { InLimits (parts_of geometry.now) }
     requires few { targets ≤ 4 }
-    ensures follows { Follows (parts_of geometry) targets (bus_view result) [] }
-    ensures count { result.count ≡ targets }
-    ensures magic { is_bus result ≡ true }
-    ensures sound { IsSound result }
+    ensures follows { Follows (parts_of geometry.now) targets (bus_view bus.new) [] }
+    ensures count { bus.new.count ≡ targets }
+    ensures magic { is_bus bus.new ≡ true }
+    ensures sound { IsSound bus.new }
 {
-    let target = fresh_target(luns);
-    OnfiseqBus {
-        magic: MAGIC,
-        geometry,
-        count: usize::from(targets),
-        targets: [target; 4],
-    }
-}
-
-/// A channel of so many targets of this geometry, to which nothing has happened. Where the geometry has a fault or the targets aren't 1 to 4 there is no
-/// such channel, and its `count` is 0.
-pub fn begin(geometry: &OnfiseqGeometry, targets: u8) -> OnfiseqBus
-    ensures begins { CanBegin (parts_of geometry.now) targets → Follows (parts_of geometry.now) targets (bus_view result) [] }
-    ensures only { 1 ≤ result.count → CanBegin (parts_of geometry.now) targets }
-    ensures magic { is_bus result ≡ true }
-    ensures sound { IsSound result }
-{
-    match Geometry::of(geometry.parts()) {
-        Ok(known) if targets >= 1 && targets <= 4 => fresh(*geometry, targets, known.parts().luns),
-        _ => no_channel(*geometry),
-    }
+    bus.magic = MAGIC;
+    bus.geometry = *geometry;
+    bus.count = usize::from(targets);
+    bus.targets = [fresh_target(geometry.luns); 4];
 }
 
 /// The caller's record has another size or version.
@@ -127,8 +98,8 @@ fn fault_code(fault: PageFault) -> u32
     0x5000 + fault.number()
 }
 
-/// Whether a channel can begin: 0, or the code of what is against it.
-pub fn begin_code(geometry: &OnfiseqGeometry, targets: u8) -> u32
+// Whether a channel can begin: 0, or the code of what is against it.
+fn begin_code(geometry: &OnfiseqGeometry, targets: u8) -> u32
     ensures code { result ≡ begin_code (parts_of geometry.now) targets }
     ensures can { result ≡ 0 → CanBegin (parts_of geometry.now) targets }
 {
@@ -139,6 +110,23 @@ pub fn begin_code(geometry: &OnfiseqGeometry, targets: u8) -> u32
         Err(fault) => fault_code(fault),
         Ok(_) => 0,
     }
+}
+
+/// Begins a channel of so many targets of this geometry, to which nothing has happened: 0, and the record is its record. Else the answer is the code of what is
+/// against it, and the record stays as it was.
+pub fn begin(bus: &mut OnfiseqBus, geometry: &OnfiseqGeometry, targets: u8) -> u32
+    ensures code { result ≡ begin_code (parts_of geometry.now) targets }
+    ensures begins { result ≡ 0 → Follows (parts_of geometry.now) targets (bus_view bus.new) [] }
+    ensures some { result ≡ 0 → 1 ≤ bus.new.count }
+    ensures magic { result ≡ 0 → is_bus bus.new ≡ true }
+    ensures sound { result ≡ 0 → IsSound bus.new }
+    ensures refused { (result ≡ 0 → ⊥) → bus.new ≡ bus.old }
+{
+    let code = begin_code(geometry, targets);
+    if code == 0 {
+        renew(bus, geometry, targets);
+    }
+    code
 }
 
 // Whether what stands first in a record is what a call left.

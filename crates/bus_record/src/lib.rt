@@ -20,8 +20,8 @@ mod trial;
 
 pub use anew::{begin_target, drop_sequence};
 pub use bus::{
-    DAMAGED, NO_ITEM, OTHER_VERSION, OnfiseqBus, are_sound, begin, begin_code, caches_programs,
-    code_of, is_bus_at, is_sound_bus, is_wide, push, push_item, push_numbers,
+    DAMAGED, NO_ITEM, OTHER_VERSION, OnfiseqBus, are_sound, begin, caches_programs, code_of,
+    is_bus_at, is_sound_bus, is_wide, push, push_item, push_numbers, renew,
     sound_channels_are_taken,
 };
 pub use item::{OnfiseqItem, kind_of};

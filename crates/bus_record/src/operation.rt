@@ -129,6 +129,23 @@ fn try_part(bus: &OnfiseqBus, kept: &mut OnfiseqTarget, ce: u8, part: &OnfiseqPa
     }
 }
 
+// Goes on by a part, or stays as it is where that is refused. The copy stands in a frame of its own, and so once on the stack.
+#[inline(never)]
+fn try_whole(bus: &OnfiseqBus, kept: &mut OnfiseqTarget, ce: u8, part: &OnfiseqPart) -> u32
+    requires { IsTried bus.now ce kept.old }
+    ensures code { result ≡ part_code ce part.now (tried_view bus.now ce kept.old) }
+    ensures state { result ≡ 0 → tried_view bus.now ce kept.new ≡ part_after ce part.now (tried_view bus.now ce kept.old) }
+    ensures refused { (result ≡ 0 → ⊥) → kept.new ≡ kept.old }
+    ensures tried { IsTried bus.now ce kept.new }
+{
+    let before = *kept;
+    let code = try_part(bus, kept, ce, part);
+    if code != 0 {
+        *kept = before;
+    }
+    code
+}
+
 // Goes on by parts, up to the first that is refused.
 fn try_parts(bus: &OnfiseqBus, kept: &mut OnfiseqTarget, ce: u8, parts: &[OnfiseqPart]) -> Gone
     requires { IsTried bus.now ce kept.old }
@@ -143,10 +160,8 @@ fn try_parts(bus: &OnfiseqBus, kept: &mut OnfiseqTarget, ce: u8, parts: &[Onfise
     match parts {
         [] => Gone { code: 0, parts: 0 },
         [first, rest @ ..] => {
-            let before = *kept;
-            let code = try_part(bus, kept, ce, first);
+            let code = try_whole(bus, kept, ce, first);
             if code != 0 {
-                *kept = before;
                 return Gone { code, parts: 0 };
             }
             let gone = try_parts(bus, kept, ce, rest);
@@ -158,7 +173,8 @@ fn try_parts(bus: &OnfiseqBus, kept: &mut OnfiseqTarget, ce: u8, parts: &[Onfise
     }
 }
 
-// What is answered to so many cycles of a part.
+// What is answered to so many cycles of a part. The copy stands in a frame of its own.
+#[inline(never)]
 fn ask_part(bus: &OnfiseqBus, kept: &OnfiseqTarget, ce: u8, part: &OnfiseqPart, count: u32) -> u32
     requires { IsTried bus.now ce kept.now }
     ensures { result ≡ part_code ce (with_count part.now count) (tried_view bus.now ce kept.now) }

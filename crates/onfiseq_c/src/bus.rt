@@ -9,8 +9,8 @@ ghost use Rattle.bus_record.specs.Bus.{GoesOn, IsSound, begin_code, bus_pushed, 
 ghost use Rattle.bus_record.specs.Item.{item_of};
 
 use bus_record::{
-    DAMAGED, OTHER_VERSION, OnfiseqBus, OnfiseqGeometry, OnfiseqItem, begin, begin_code, is_bus_at,
-    is_wide, push_numbers,
+    DAMAGED, OTHER_VERSION, OnfiseqBus, OnfiseqGeometry, OnfiseqItem, begin, is_bus_at, is_wide,
+    push_numbers,
 };
 
 // How many bytes the record of a channel has, and the version of the calls and records.
@@ -38,11 +38,7 @@ pub extern "C" fn onfiseq_begin_sized(
     if size != BUS_BYTES || version != VERSION {
         return OTHER_VERSION;
     }
-    let code = begin_code(geometry, targets);
-    if code == 0 {
-        *bus = begin(geometry, targets);
-    }
-    code
+    begin(bus, geometry, targets)
 }
 
 /// The channel goes on by an item: 0 where it is permitted after those before. Else nothing changes, and the answer is the code of the first rule that it

@@ -1,9 +1,5 @@
 -- A step that came.
-use Rattle.std.proofs.Common.{◌≡◌, ℕ, zero, suc, ◌≤◌, ◌==◌, ◌&&◌, Bool, true, false, not, cond, List, [], Ok, Err, length, map, take, refl, sym, ap, ◌∙◌, subst, arith}
-use Rattle.nand_geometry.specs.declared.parts.Parts.{Parts}
-use Rattle.onfi_cycle.specs.State.{Follows}
-use Rattle.onfi_cycle.proofs.Following.{count_of}
-use Rattle.target_record.specs.Record.{target_of}
+use Rattle.std.proofs.Common.{◌≡◌, ℕ, zero, suc, ◌≤◌, ◌==◌, ◌&&◌, Bool, true, false, not, cond, List, Ok, Err, length, refl, sym, ap, ◌∙◌, subst, arith}
 use Rattle.bus_record.specs.Kept.{Kept}
 use Rattle.std.specs.Prelude.{nat_le, nat_lt}
 use Rattle.std.proofs.lemmas.Bool.Decides.{nat_tests}
@@ -12,7 +8,7 @@ use Rattle.micro_word.specs.declared.word.Word.{Word}
 use Rattle.seq_core.specs.Progress.{status_of, outcome_of, is_done}
 use Rattle.seq_core.specs.Calls.{holder_after}
 use Rattle.seq_live.specs.Burst.{taken_by}
-use Rattle.bus_record.specs.Bus.{IsSound, are_sound, bus_view}
+use Rattle.bus_record.specs.Bus.{IsSound, are_sound}
 use Rattle.bus_record.specs.Channel.{IsSameChannel, is_on}
 use Rattle.bus_record.proofs.Sound.{sound_are_taken}
 use Rattle.onfiseq_live_c.specs.declared.stop.Stop.TheVariants as stop
@@ -104,10 +100,13 @@ finishes v later j next file bytes word left answer whole is_due many plays stat
       whole = after;
     })
 
--- a channel that has begun has targets
-pub some_targets : (g : Parts) (n : ℕ) (k : Kept) → 1 ≤ n → Follows g n (bus_view k) [] → not (k.count == 0) ≡ true
-some_targets g n k some f = at k.count (count_of g n (bus_view k) [] f)
-  where
-    at : (m : ℕ) → length (map target_of (take m k.targets)) ≡ n → not (m == 0) ≡ true
-    at zero e = absurd (omega (arith, e, some))
-    at (suc m) e = let above : (suc m == 0) ≡ false = grind (arith, nat_tests) in ap not above
+not_none : (n : ℕ) → 1 ≤ n → not (n == 0) ≡ true
+not_none zero h = absurd (omega (arith, h))
+not_none (suc n) h = let above : (suc n == 0) ≡ false = grind (arith, nat_tests) in ap not above
+
+-- a record with the magic and a sound channel that has targets is live
+pub live_begun : (bus : Kept) (later : OnfiseqLive) → later.magic ≡ 0x4556494c → later.bus ≡ bus → 1 ≤ bus.count → IsSound bus → is_live later ≡ true
+live_begun bus later magic same some sound =
+    let counted : not (later.bus.count == 0) ≡ true = ap (λ (k : Kept). not (k.count == 0)) same ∙ not_none bus.count some in
+    join (later.magic == 0x4556494c) (not (later.bus.count == 0) && are_sound later.bus) (ap (λ (m : ℕ). m == 0x4556494c) magic)
+    (join (not (later.bus.count == 0)) (are_sound later.bus) counted (sound_are_taken later.bus (subst IsSound (sym same) sound)).whole)

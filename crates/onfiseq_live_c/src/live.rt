@@ -9,8 +9,8 @@ ghost use Rattle.seq_live.specs.Calls.{told_by};
 
 use crate::job::OnfiseqJob;
 use bus_record::{
-    DAMAGED, OTHER_VERSION, OnfiseqBus, OnfiseqGeometry, are_sound, begin, begin_code, geometry_of,
-    has_lun, push,
+    DAMAGED, OTHER_VERSION, OnfiseqBus, OnfiseqGeometry, are_sound, begin, geometry_of, has_lun,
+    push,
 };
 use nand_geometry::Geometry;
 use onfi_cycle::{Item, Lun, Status};
@@ -118,15 +118,10 @@ pub extern "C" fn onfiseq_live_begin_sized(
     if size != LIVE_BYTES || version != VERSION {
         return OTHER_VERSION;
     }
-    let code = begin_code(geometry, targets);
+    let code = begin(&mut live.bus, geometry, targets);
     if code == 0 {
-        *live = OnfiseqLive {
-            magic: MAGIC,
-            has_holder: 0,
-            ce: 0,
-            lun: 0,
-            bus: begin(geometry, targets),
-        };
+        live.magic = MAGIC;
+        live.hand_over(None);
     }
     code
 }

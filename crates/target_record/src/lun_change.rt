@@ -348,19 +348,28 @@ fn begin_work(kept: &mut OnfiseqLun, closer: Command)
     kept.busy = 1;
 }
 
+// Adds the rows of a queue behind those that are there.
+fn add_rows(rows: &mut RowQueue, queue: &[OnfiseqQueued])
+    requires { length rows.old.items + length queue.now ≤ 4 }
+    ensures { rows.new.items ≡ rows.old.items ++ queue_of queue.now }
+{
+    match queue {
+        [] => {}
+        [first, rest @ ..] => {
+            rows.push(queued_of(first));
+            add_rows(rows, rest);
+        }
+    }
+}
+
 // The rows of a queue.
 fn queue_rows(queue: &[OnfiseqQueued]) -> RowQueue
     requires { length queue.now ≤ 4 }
     ensures { result.items ≡ queue_of queue.now }
 {
-    match queue {
-        [] => RowQueue::new(),
-        [first, rest @ ..] => {
-            let mut rows = queue_rows(rest);
-            rows.insert(0, queued_of(first));
-            rows
-        }
-    }
+    let mut rows = RowQueue::new();
+    add_rows(&mut rows, queue);
+    rows
 }
 
 // It has one row more in its queue.

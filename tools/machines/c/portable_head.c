@@ -18,6 +18,10 @@
  *                         interrupts may be in the calls at once.
  *     ONFISEQ_THREAD      what the compiler calls a variable of each thread: _Thread_local, __thread or __declspec(thread), if nothing is said.
  *                         Defined as nothing, there is one memory for all, and one thread at a time may be in the calls.
+ *     ONFISEQ_DIRECT      for a processor of 32 bits with its lowest byte first: the module's addresses are the processor's own. Records stay where they are, the
+ *                         data are constants of the program, and the memory is the stack of the calls and what onfiseq_verify and the assembler ask for.
+ *                         Without ONFISEQ_MEMORY it is the stack alone. Nothing is tested, as with ONFISEQ_UNCHECKED.
+ *     ONFISEQ_UNCHECKED   leaves out the test of each load and store against the memory's end, which the proofs make needless.
  *     ONFISEQ_TRAP(why)   is called where the module can't go on, which the proofs exclude, and must not come back. Without it, abort is called, and BUG in a kernel.
  *
  * Where there is no memory for a call, it answers 'O' and changes nothing: the code ONFISEQ_NO_MEMORY, or that letter in its answer. So does a call that comes
@@ -32,8 +36,29 @@
 #define HAS_64_BITS (SIZE_MAX > 0xffffffffu)
 #endif
 
+#ifdef ONFISEQ_DIRECT
+#define IS_DIRECT 1
+#define IS_CHECKED 0
+#else
+#define IS_DIRECT 0
 #ifndef ONFISEQ_MEMORY
 #define ONFISEQ_MEMORY 0
+#endif
+#ifdef ONFISEQ_UNCHECKED
+#define IS_CHECKED 0
+#else
+#define IS_CHECKED 1
+#endif
+#endif
+#if defined(__BYTE_ORDER__) && defined(__ORDER_LITTLE_ENDIAN__)
+#define IS_LITTLE_ENDIAN (__BYTE_ORDER__ == __ORDER_LITTLE_ENDIAN__)
+#elif defined(_MSC_VER)
+#define IS_LITTLE_ENDIAN 1
+#else
+#define IS_LITTLE_ENDIAN 0
+#endif
+#if IS_DIRECT && (!IS_LITTLE_ENDIAN || UINTPTR_MAX != 0xffffffffu)
+#error "ONFISEQ_DIRECT is for processors of 32 bits with their lowest byte first"
 #endif
 #if defined(ONFISEQ_ROOM) && !ONFISEQ_MEMORY
 #error "ONFISEQ_MEMORY says how many bytes ONFISEQ_ROOM lends"
@@ -46,7 +71,7 @@
 #endif
 #endif
 #ifndef ONFISEQ_THREAD
-#if ONFISEQ_MEMORY || defined(__TINYC__)
+#if ONFISEQ_MEMORY || IS_DIRECT || defined(__TINYC__)
 #define ONFISEQ_THREAD
 #elif defined(__STDC_VERSION__) && __STDC_VERSION__ >= 201112L && !defined(__STDC_NO_THREADS__)
 #define ONFISEQ_THREAD _Thread_local
@@ -83,10 +108,7 @@ static void stop(int why) {
     }
 }
 
-/* The memory begins where the stack does: places below are none, as there is no more stack than ONFISEQ_STACK. */
-#define LOWEST (STACK_END - STACK_BYTES)
-
-/* How far from there a place is. On a processor of 32 bits a sum past those begins anew; what it leads to is tested as ever. */
+/* How far from the begin of the memory a place is. On a processor of 32 bits a sum past it begins anew; what it leads to is tested as ever. */
 #if HAS_64_BITS
 typedef u64 distance;
 #else
@@ -99,51 +121,81 @@ struct memory {
 };
 enum { LONGEST = 8 };
 
+#if IS_DIRECT
+/* A place is the processor's own. An address of the data is a constant of the linker. */
+static inline u8 *place(const struct memory *memory, u64 at, u64 count) {
+    (void)memory, (void)count;
+    return (u8 *)(uintptr_t)at;
+}
+static inline u8 *number_at(const struct memory *memory, u64 at) { return place(memory, at, LONGEST); }
+typedef const u8 *address;
+#define DATA(at) ((u32)(uintptr_t)&data + (at))
+#define ADDRESS(at) (const u8 *)&data + (at)
+#else
+/* The memory begins where the stack does: places below are none, as there is no more stack than ONFISEQ_STACK. */
+#define LOWEST (STACK_END - STACK_BYTES)
+
 /* The place of so many bytes. */
 static inline u8 *place(const struct memory *memory, u64 at, u64 count) {
     distance from = (distance)at - LOWEST;
-    if (count > memory->size || from > memory->size - (distance)count) stop(OUT_OF_MEMORY);
+    if (IS_CHECKED && (count > memory->size || from > memory->size - (distance)count)) stop(OUT_OF_MEMORY);
     return memory->data + from;
 }
 
 /* The place of a number. */
 static inline u8 *number_at(const struct memory *memory, u64 at) {
     distance from = (distance)at - LOWEST;
-    if (from > memory->size) stop(OUT_OF_MEMORY);
+    if (IS_CHECKED && from > memory->size) stop(OUT_OF_MEMORY);
     return memory->data + from;
 }
-
-/* Numbers stand in the memory with their lowest byte first, in whatever order the processor has them. */
-#if defined(__BYTE_ORDER__) && defined(__ORDER_LITTLE_ENDIAN__)
-#define IS_LITTLE_ENDIAN (__BYTE_ORDER__ == __ORDER_LITTLE_ENDIAN__)
-#elif defined(_MSC_VER)
-#define IS_LITTLE_ENDIAN 1
-#else
-#define IS_LITTLE_ENDIAN 0
+typedef u8 address[4];
+#define DATA(at) (STACK_END + (at))
+#define BYTE_OF(number, k) (u8)((number) >> 8 * (k))
+#define ADDRESS(at) {BYTE_OF(DATA(at), 0), BYTE_OF(DATA(at), 1), BYTE_OF(DATA(at), 2), BYTE_OF(DATA(at), 3)}
 #endif
-#if IS_LITTLE_ENDIAN
-#define NUMBER(bits)                                                                                              \
-    static inline u##bits get##bits(const u8 *at) {                                                               \
+
+/* Numbers stand in the memory with their lowest byte first, in whatever order the processor has them; `aligned` is what their place is a multiple of. */
+#ifdef __GNUC__
+#define ALIGNED __attribute__((aligned(16)))
+#define ALIGNED_TO_8 __attribute__((aligned(8))) /* what the module answers stands at such a place, whatever it is made of */
+#else
+#define ALIGNED
+#define ALIGNED_TO_8
+#endif
+#if IS_DIRECT && defined(__GNUC__)
+#define NUMBER(bits, name, multiple)                                                                              \
+    typedef u##bits __attribute__((may_alias, aligned(multiple))) standing##name;                                 \
+    static inline u##bits get##name(const u8 *at) { return *(const standing##name *)at; }                         \
+    static inline void put##name(u8 *at, u##bits it) { *(standing##name *)at = it; }
+#elif IS_LITTLE_ENDIAN
+#define NUMBER(bits, name, multiple)                                                                              \
+    static inline u##bits get##name(const u8 *at) {                                                               \
         u##bits it;                                                                                               \
         memcpy(&it, at, sizeof it);                                                                               \
         return it;                                                                                                \
     }                                                                                                             \
-    static inline void put##bits(u8 *at, u##bits it) { memcpy(at, &it, sizeof it); }
+    static inline void put##name(u8 *at, u##bits it) { memcpy(at, &it, sizeof it); }
 #else
-#define NUMBER(bits)                                                                                              \
-    static inline u##bits get##bits(const u8 *at) {                                                               \
+#define NUMBER(bits, name, multiple)                                                                              \
+    static inline u##bits get##name(const u8 *at) {                                                               \
         u64 it = 0;                                                                                               \
         for (int k = 0; k < bits / 8; k++) it |= (u64)at[k] << 8 * k;                                             \
         return (u##bits)it;                                                                                       \
     }                                                                                                             \
-    static inline void put##bits(u8 *at, u##bits it) {                                                            \
+    static inline void put##name(u8 *at, u##bits it) {                                                            \
         for (int k = 0; k < bits / 8; k++) at[k] = (u8)((u64)it >> 8 * k);                                        \
     }
 #endif
-NUMBER(8)
-NUMBER(16)
-NUMBER(32)
-NUMBER(64)
+NUMBER(8, 8, 1)
+NUMBER(16, 16, 2)
+NUMBER(16, 16_align1, 1)
+NUMBER(32, 32, 4)
+NUMBER(32, 32_align1, 1)
+NUMBER(32, 32_align2, 2)
+NUMBER(64, 64, 8)
+NUMBER(64, 64_align1, 1)
+NUMBER(64, 64_align2, 2)
+NUMBER(64, 64_align4, 4)
 
 /* The instructions of WebAssembly that the module has. */
 #ifdef __GNUC__
@@ -151,35 +203,48 @@ NUMBER(64)
 #else
 #define INSTRUCTION static inline
 #endif
-#define LOAD(name, answer, bits, extended) \
-    INSTRUCTION answer name(const struct memory *memory, u64 at) { return extended(get##bits(number_at(memory, at))); }
-#define STORE(name, given, bits) \
-    INSTRUCTION void name(const struct memory *memory, u64 at, given it) { put##bits(number_at(memory, at), (u##bits)it); }
+#define LOAD(name, answer, number, extended) \
+    INSTRUCTION answer name(const struct memory *memory, u64 at) { return extended(get##number(number_at(memory, at))); }
+#define STORE(name, given, number, bits) \
+    INSTRUCTION void name(const struct memory *memory, u64 at, given it) { put##number(number_at(memory, at), (u##bits)it); }
 #define AS_IT_IS(it) (it)
 #define SIGNED_32(it) ((u32)(s32)(s8)(it))
 #define SIGNED_32_OF_16(it) ((u32)(s32)(s16)(it))
 #define SIGNED_64(it) ((u64)(s64)(s8)(it))
 #define SIGNED_64_OF_16(it) ((u64)(s64)(s16)(it))
 #define SIGNED_64_OF_32(it) ((u64)(s64)(s32)(it))
-LOAD(i32_load, u32, 32, AS_IT_IS)
-LOAD(i64_load, u64, 64, AS_IT_IS)
 LOAD(i32_load8_u, u32, 8, AS_IT_IS)
-LOAD(i32_load16_u, u32, 16, AS_IT_IS)
 LOAD(i64_load8_u, u64, 8, AS_IT_IS)
-LOAD(i64_load16_u, u64, 16, AS_IT_IS)
-LOAD(i64_load32_u, u64, 32, AS_IT_IS)
 LOAD(i32_load8_s, u32, 8, SIGNED_32)
-LOAD(i32_load16_s, u32, 16, SIGNED_32_OF_16)
 LOAD(i64_load8_s, u64, 8, SIGNED_64)
-LOAD(i64_load16_s, u64, 16, SIGNED_64_OF_16)
-LOAD(i64_load32_s, u64, 32, SIGNED_64_OF_32)
-STORE(i32_store, u32, 32)
-STORE(i64_store, u64, 64)
-STORE(i32_store8, u32, 8)
-STORE(i32_store16, u32, 16)
-STORE(i64_store8, u64, 8)
-STORE(i64_store16, u64, 16)
-STORE(i64_store32, u64, 32)
+STORE(i32_store8, u32, 8, 8)
+STORE(i64_store8, u64, 8, 8)
+/* The others, at a multiple of their size, or of less where their name says so. */
+#define OF_16(aligned)                                                                                            \
+    LOAD(i32_load16_u##aligned, u32, 16##aligned, AS_IT_IS)                                                       \
+    LOAD(i64_load16_u##aligned, u64, 16##aligned, AS_IT_IS)                                                       \
+    LOAD(i32_load16_s##aligned, u32, 16##aligned, SIGNED_32_OF_16)                                                \
+    LOAD(i64_load16_s##aligned, u64, 16##aligned, SIGNED_64_OF_16)                                                \
+    STORE(i32_store16##aligned, u32, 16##aligned, 16)                                                             \
+    STORE(i64_store16##aligned, u64, 16##aligned, 16)
+#define OF_32(aligned)                                                                                            \
+    LOAD(i32_load##aligned, u32, 32##aligned, AS_IT_IS)                                                           \
+    LOAD(i64_load32_u##aligned, u64, 32##aligned, AS_IT_IS)                                                       \
+    LOAD(i64_load32_s##aligned, u64, 32##aligned, SIGNED_64_OF_32)                                                \
+    STORE(i32_store##aligned, u32, 32##aligned, 32)                                                               \
+    STORE(i64_store32##aligned, u64, 32##aligned, 32)
+#define OF_64(aligned)                                                                                            \
+    LOAD(i64_load##aligned, u64, 64##aligned, AS_IT_IS)                                                           \
+    STORE(i64_store##aligned, u64, 64##aligned, 64)
+OF_16()
+OF_16(_align1)
+OF_32()
+OF_32(_align1)
+OF_32(_align2)
+OF_64()
+OF_64(_align1)
+OF_64(_align2)
+OF_64(_align4)
 
 INSTRUCTION void memory_fill(const struct memory *memory, u32 at, u32 value, u32 count) { memset(place(memory, at, count), (int)(u8)value, count); }
 
@@ -242,7 +307,7 @@ INSTRUCTION u32 zeros_below(u64 it, u32 bits) {
 /* A call's module: it is begun anew for each call, over the memory of whoever calls. */
 struct module {
     struct memory memory;
-    u32 stack_pointer, heap_base;
+    u32 stack_pointer;
     u64 room_at, last_block; /* where the room is free, and the block that stands last in it */
     volatile u8 *marks;
 };

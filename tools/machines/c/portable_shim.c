@@ -1,8 +1,17 @@
 
-/* ---- the memory of whoever calls: the stack, the data, and from heap_base on room, which is free again when the call ends */
+/* ---- the memory of whoever calls: the stack, the data where they don't stand for themselves, and room, which is free again when the call ends */
 
 enum { IS_IN_CALL, IS_FILLED, MARKS = 16 };
 #define MOST 0x7fff0000u
+
+#if IS_DIRECT
+static u32 lowest(const struct module *it) { return (u32)(uintptr_t)it->memory.data; }
+#else
+static u32 lowest(const struct module *it) {
+    (void)it;
+    return LOWEST;
+}
+#endif
 
 #if ONFISEQ_MEMORY
 #ifdef ONFISEQ_ROOM
@@ -13,14 +22,18 @@ static u64 only_room[(ONFISEQ_MEMORY) / 8];
 static void *room_of_caller(void) { return only_room; }
 #endif
 
+/* How far above the marks the stack begins: its end is a multiple of 16, as it is in the module. */
+static u32 gap_above(const u8 *marks) { return IS_DIRECT ? (u32)(uintptr_t)marks & 8 : 0; }
+
 static bool find_memory(struct module *it) {
     u8 *room = (u8 *)room_of_caller();
+    u32 before = room == NULL ? 0 : MARKS + gap_above(room);
     it->marks = room;
-    it->memory.data = room == NULL ? NULL : room + MARKS;
-    it->memory.size = (ONFISEQ_MEMORY) / 8 * 8 - MARKS - LONGEST;
+    it->memory.data = room == NULL ? NULL : room + before;
+    it->memory.size = (ONFISEQ_MEMORY) / 8 * 8 - before - (IS_DIRECT ? 0 : LONGEST);
     return room != NULL;
 }
-static bool reaches(struct module *it, u64 end) { return end - LOWEST <= it->memory.size; }
+static bool reaches(struct module *it, u64 end) { return end - lowest(it) <= it->memory.size; }
 #else
 static ONFISEQ_THREAD struct memory kept;
 static ONFISEQ_THREAD volatile u8 kept_marks[MARKS];
@@ -43,49 +56,68 @@ static bool has_grown(struct module *it, u64 size) {
     return true;
 }
 static bool reaches(struct module *it, u64 end) {
-    u64 size = end - LOWEST;
+    u64 size = end - lowest(it);
     return size <= it->memory.size || has_grown(it, size + it->memory.size / 2) || has_grown(it, size);
 }
 #endif
 
 /* How much room so many values take, or more than there is. */
-static u64 room_of(u64 count, u64 each) { return count > MOST / each ? MOST : (count * each + 15) & ~(u64)15; }
+INSTRUCTION u64 room_of(u64 count, u64 each) { return count > MOST / each ? MOST : (count * each + 15) & ~(u64)15; }
 
 /* The place of so many bytes of room, or 0 where there are none. */
-static u64 find_room(struct module *it, u64 size) {
+INSTRUCTION u64 find_room(struct module *it, u64 size) {
     u64 at = (it->room_at + 15) & ~(u64)15;
     if (size > MOST || !reaches(it, at + size)) return 0;
     it->room_at = at + size;
     return at;
 }
 
-/* The place of so much of the room that begin_call has found. */
-static u64 take_room(struct module *it, u64 room) {
-    u64 at = it->room_at;
-    it->room_at += room;
-    return at;
-}
-
 static void end_call(struct module *it) { it->marks[IS_IN_CALL] = 0; }
 
-/* Begins a call that takes so much of the stack, and so much room for what it is given. */
-static bool begin_call(struct module *it, u64 stack, u64 room) {
+/* Begins a call that takes so much of the stack. */
+static bool begin_module(struct module *it, u64 stack) {
     if (stack > STACK_BYTES || !find_memory(it) || it->marks[IS_IN_CALL]) return false;
     it->marks[IS_IN_CALL] = 1;
-    init_globals(it);
-    it->room_at = it->heap_base, it->last_block = 0;
+    it->stack_pointer = lowest(it) + STACK_BYTES;
+    it->room_at = it->stack_pointer, it->last_block = 0;
+    return true;
+}
+
+#if IS_DIRECT
+#define begin_call(it, stack, room) begin_module(it, stack)
+
+/* Where the module has what a call is given: where it is. */
+static u64 lend(struct module *it, const void *value, u64 room) {
+    (void)it, (void)room;
+    return (u64)(uintptr_t)value;
+}
+INSTRUCTION void put_bytes(struct module *it, u64 at, const void *bytes, u64 count) { (void)it, (void)at, (void)bytes, (void)count; }
+INSTRUCTION void get_bytes(struct module *it, u64 at, void *bytes, u64 count) { (void)it, (void)at, (void)bytes, (void)count; }
+#else
+/* Begins a call that takes so much of the stack, and so much room for what it is given. */
+static bool begin_call(struct module *it, u64 stack, u64 room) {
+    if (!begin_module(it, stack)) return false;
+    it->room_at = DATA_END;
     if (!reaches(it, it->room_at + room)) return end_call(it), false;
-    if (!it->marks[IS_FILLED]) init_memories(it);
+    if (!it->marks[IS_FILLED]) memcpy(place(&it->memory, STACK_END, sizeof data), &data, sizeof data);
     it->marks[IS_FILLED] = 1;
     return true;
 }
 
+/* Where the module has what a call is given: in the room that begin_call has found. */
+static u64 lend(struct module *it, const void *value, u64 room) {
+    u64 at = it->room_at;
+    (void)value;
+    it->room_at += room;
+    return at;
+}
 INSTRUCTION void put_bytes(struct module *it, u64 at, const void *bytes, u64 count) {
     if (count != 0) memcpy(place(&it->memory, at, count), bytes, (size_t)count);
 }
 INSTRUCTION void get_bytes(struct module *it, u64 at, void *bytes, u64 count) {
     if (count != 0) memcpy(bytes, place(&it->memory, at, count), (size_t)count);
 }
+#endif
 
 /* What onfiseq_words and onfiseq_explain say where they have no memory. */
 INSTRUCTION size_t say_no_memory(char *text, size_t room) {

@@ -25,14 +25,17 @@ from targets import PORTABLE
 CHIP = "examples/small_chip/chip.page"
 WARNINGS = ["-std=c99", "-Wall", "-Wextra", "-Wpedantic", "-Werror"]
 X86_64 = ["crates/%s/out/lib%s.a" % (name, name) for name in PORTABLE]
+# The one C file by the processor's own addresses: a load or a store that isn't aligned ends the program. On i386 numbers of 64 bits must be said to be aligned.
+ITS_OWN = ["-DONFISEQ_DIRECT", "-DONFISEQ_MEMORY=4000000", "-fsanitize=alignment", "-fsanitize-undefined-trap-on-error", *WARNINGS]
+I386 = ["gcc", "-m32", "-malign-double", "-O1", *ITS_OWN]
 
 
 class Try:
-    """A way to run cases.c: how it is built and run, and the tools that this needs. Without linked libraries it is the one C file; limit is what its heap refuses."""
+    """A way to run cases.c: how it is built and run, and the tools that this needs. Limit is what its heap refuses; of what is linked, `of_its_own` compiles the first, if it is told."""
 
-    def __init__(self, name, compiler, linked=(), runs=(), needs=(), folder=None, limit=0):
+    def __init__(self, name, compiler, linked=(), runs=(), needs=(), of_its_own=(), limit=0):
         self.name, self.compiler, self.linked = name, list(compiler), list(linked)
-        self.runs, self.needs, self.folder, self.limit = list(runs), [compiler[0], *needs], folder, limit
+        self.runs, self.needs, self.of_its_own, self.limit = list(runs), [compiler[0], *of_its_own[:1], *needs], list(of_its_own), limit
 
     def lacking(self):
         """What isn't there that it needs."""
@@ -63,6 +66,7 @@ def short_tries(out, portable):
         Try("one C file, gcc", ["gcc", "-O1", *WARNINGS], plain),
         Try("one C file, gcc -m32", ["gcc", "-m32", "-O1", *WARNINGS], plain),
         Try("one C file, clang with UBSan", ["clang", "-O0", "-fsanitize=undefined", "-fno-sanitize-recover=undefined", *WARNINGS], plain),
+        Try("one C file, by the addresses of an i386", I386, plain),
         Try("i686", ["gcc", "-m32", "-O2", *WARNINGS], parts_of(out, "i686-linux")),
     ]
 
@@ -80,9 +84,15 @@ def long_tries(out, portable):
     tries.append(Try("cortex-m0plus, in a program for Linux", thumb, parts_of(out, "cortex-m0plus"), ["qemu-arm"]))
     tries.append(Try("one C file, s390x (big-endian)", ["s390x-linux-gnu-gcc", "-static", "-O2"], [portable], ["qemu-s390x"]))
     tries.append(Try("one C file, clang", ["clang", "-O2", *WARNINGS], [portable]))
+    tries.append(Try("one C file, unchecked", ["gcc", "-O2", "-DONFISEQ_UNCHECKED", *WARNINGS], [portable]))
+    for cpu, soft in DIRECT:
+        made = ["arm-none-eabi-gcc", "-mcpu=" + cpu, *soft, "-mthumb", "-Os", *ITS_OWN]
+        tries.append(Try("one C file, by the addresses of a %s, in a program for Linux" % cpu, thumb, [portable], ["qemu-arm"], of_its_own=made))
     return tries + [board_try(out, *it) for it in BOARDS]
 
 
+# The processors that the one C file is tried on by their own addresses, and how each is told of its numbers.
+DIRECT = (("cortex-m4", ["-mfloat-abi=soft"]), ("cortex-m0plus", []))
 # Boards of qemu-system-arm: the processor, and what qemu is told.
 BOARDS = (("cortex-m4", "mps2-an386"), ("cortex-m3", "mps2-an385"))
 
@@ -110,8 +120,11 @@ class Comparison:
     def made(self, it):
         """Builds and runs cases.c: the path of what it prints."""
         program, printed = self.path(it.name, "program"), self.path(it.name, "jsonl")
-        limit = ["-DLIMIT=%d" % it.limit] if it.limit else []
-        subprocess.run([*it.compiler, *limit, "-Iinclude", "-I" + self.room, HERE + "/cases.c", *it.linked, "-o", program], check=True)
+        limit, linked = ["-DLIMIT=%d" % it.limit] if it.limit else [], it.linked
+        if it.of_its_own:
+            linked = [self.path(it.name, "o"), *linked[1:]]
+            subprocess.run([*it.of_its_own, "-Iinclude", "-c", it.linked[0], "-o", linked[0]], check=True)
+        subprocess.run([*it.compiler, *limit, "-Iinclude", "-I" + self.room, HERE + "/cases.c", *linked, "-o", program], check=True)
         with open(printed, "w") as output:
             subprocess.run([*it.runs, program, *self.words], check=True, stdout=output, stdin=subprocess.DEVNULL, timeout=3600)
         return printed

@@ -4,6 +4,7 @@
 
 Code is that of the checker's library, and of all four; of the one C file, compiled for size. Stack is painted. Instructions are those that qemu runs, one by one,
 as the difference of 200 items and 100. A processor whose tools aren't installed is skipped by name. tools/figures.py keeps the numbers for the pages.
+SOURCE in the environment is another C file than release/onfiseq.c.
 """
 import os
 import shutil
@@ -34,6 +35,7 @@ PROCESSORS = (
 PORTABLE = (
     ("one C file, x86-64", ["gcc", "-static"], ["qemu-x86_64"]),
     ("one C file, 32-bit ARM", ["arm-linux-gnueabihf-gcc", "-mthumb", "-static"], ["qemu-arm"]),
+    ("one C file, 32-bit ARM, its addresses", ["arm-linux-gnueabihf-gcc", "-mthumb", "-static", "-DONFISEQ_DIRECT", "-DONFISEQ_MEMORY=400000"], ["qemu-arm"]),
     ("one C file, s390x", ["s390x-linux-gnu-gcc", "-static"], ["qemu-s390x"]),
 )
 
@@ -103,7 +105,7 @@ def places(out):
     for name, compiler, runs in PROCESSORS:
         yield name, compiler, runs, linked(out, name)
     for name, compiler, runs in PORTABLE:
-        yield name, compiler, runs, ["release/onfiseq.c"]
+        yield name, compiler, runs, [os.environ.get("SOURCE", "release/onfiseq.c")]
 
 
 def main():

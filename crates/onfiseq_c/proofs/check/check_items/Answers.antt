@@ -1,40 +1,45 @@
-use Rattle.std.proofs.Common.{◌∷◌, sym, ◌∙◌, arith}
-use Rattle.onfiseq_c.proofs.Checked.{ends, is_none, breaks, goes_on, is_empty}
+use Rattle.std.proofs.Common.{sym, ◌∙◌, arith}
+use Rattle.onfi_cycle.specs.Sequence.{target_of}
+use Rattle.bus_record.specs.Bus.{bus_view}
+use Rattle.bus_record.proofs.Pushed.{fits_each}
+use Rattle.onfiseq_c.proofs.Checked.{begun, stops_at_none, stops_at_rule, plays_on, ends_there, is_empty}
 use Rattle.onfiseq_c.proofs.check.check_items.Goals as goal
 
-pub returns-in_default-item_in : goal.returns-in_default-item_in
-returns-in_default-item_in c =
-    let before = c.items.invariant.so_far in
-    c.of.ensures ∙ sym (before.1.1 ∙ is_none c.args.geometry c.args.targets before.0 c.items.rest.now c.in-Some.first.now c.in-Some.behind.now c.items.at
-    c.in-Some.ensures.cases.0 (sym c.item_in.ensures ∙ c.in_default-item_in.is))
+pub items-init : goal.items-init
+items-init c = record {
+  counted = omega arith;
+  so_far = λ g n f. begun g n (bus_view c.args.bus.now) c.args.items.now f;
+  sound = c.requires.sound;
+}
 
-pub returns-in-Some-judge : goal.returns-in-Some-judge
-returns-in-Some-judge c =
-    let before = c.items.invariant.so_far in
-    let broken = sym (c.judge.ensures.past c.args.geometry c.args.targets before.0 before.1.0) ∙ c.in-Some-judge.is in
-    let number = rw c.number.ensures at c.of-in-Some-judge.ensures in
-    number ∙ sym (before.1.1 ∙ breaks c.args.geometry c.args.targets before.0 c.items.rest.now c.in-Some.first.now c.in-Some.behind.now c.items.at
-    c.in-Some-item_in.item c.in-Some-judge.rule c.in-Some.ensures.cases.0 (sym c.item_in.ensures ∙ c.in-Some-item_in.is) broken)
+pub push_item-requires : goal.push_item-requires
+push_item-requires c = fits_each c.items.bus c.items.invariant.sound (target_of c.in-Some-item.item)
+
+pub returns-in_default-item : goal.returns-in_default-item
+returns-in_default-item c g n f =
+    c.of.ensures ∙ stops_at_none g n (bus_view c.args.bus.now) (bus_view c.items.bus) c.args.items.now c.items.rest.now c.items.at c.in-Some.first.now c.in-Some.behind.now c.args.wide
+    c.requires.wide f (c.items.invariant.so_far g n f) c.in-Some.ensures.cases.0 (sym c.item.ensures.value ∙ c.in_default-item.is)
+
+pub returns-in-Some-push_item : goal.returns-in-Some-push_item
+returns-in-Some-push_item c g n f =
+    let number = rw c.number.ensures at c.of-in-Some-push_item.ensures in
+    number ∙ stops_at_rule g n (bus_view c.args.bus.now) (bus_view c.items.bus) c.args.items.now c.items.rest.now c.items.at c.in-Some.first.now c.in-Some.behind.now c.args.wide
+    c.in-Some-item.item c.in-Some-push_item.rule c.requires.wide f (c.items.invariant.so_far g n f) c.in-Some.ensures.cases.0 (sym c.item.ensures.value ∙ c.in-Some-item.is)
+    (sym c.push_item.ensures.rule ∙ c.in-Some-push_item.is)
 
 pub items-preserved : goal.items-preserved
 items-preserved c =
-    let before = c.items.invariant.so_far in
-    let fine = sym (c.judge.ensures.past c.args.geometry c.args.targets before.0 before.1.0) ∙ c.in_default-judge.is in
     let shorter = c.in-Some.ensures.cases.1 in
     let counted = c.items.invariant.counted in
     record {
       counted = omega arith;
-      so_far = (
-        c.in-Some-item_in.item ∷ before.0,
-        (
-          c.apply.ensures.past c.args.geometry c.args.targets before.0 before.1.0,
-          before.1.1 ∙ goes_on c.args.geometry c.args.targets before.0 c.items.rest.now c.in-Some.first.now c.in-Some.behind.now c.items.at
-              c.in-Some-item_in.item c.in-Some.ensures.cases.0 (sym c.item_in.ensures ∙ c.in-Some-item_in.is) fine,
-        ),
-      );
+      so_far = λ g n f.
+          plays_on g n (bus_view c.args.bus.now) (bus_view c.items.bus) (bus_view c.push_item.new.bus) c.args.items.now c.items.rest.now c.items.at c.in-Some.first.now c.in-Some.behind.now
+          c.args.wide c.in-Some-item.item c.requires.wide f (c.items.invariant.so_far g n f) c.in-Some.ensures.cases.0 (sym c.item.ensures.value ∙ c.in-Some-item.is)
+          (sym c.push_item.ensures.rule ∙ c.in_default-push_item.is) (c.push_item.ensures.after c.in_default-push_item.is);
+      sound = c.push_item.ensures.sound c.items.invariant.sound;
     }
 
 pub returns : goal.returns
-returns c =
-    let before = c.items.invariant.so_far in
-    c.of-2.ensures ∙ sym (before.1.1 ∙ ends c.args.geometry c.args.targets before.0 c.items.rest.now c.items.at (is_empty c.items.rest.now c.in_default.ensures.cases))
+returns c g n f =
+    c.of-2.ensures ∙ ends_there g n (bus_view c.items.bus) c.args.items.now c.items.rest.now c.items.at (c.items.invariant.so_far g n f) (is_empty c.items.rest.now c.in_default.ensures.cases)
