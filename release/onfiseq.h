@@ -364,12 +364,13 @@ struct onfiseq_run {
  * The same verdict, and a run of a refusal: what happens on a channel of one target whose LUN 0
  * runs the program from row 0 on, with a buffer of 00, up to the refused word. V7 of a program
  * without branches and loops, for a chip of one LUN, has its run; for every other word one is
- * searched for, in so many steps at most: words that come, in all the runs that are tried; 100,000
- * take a tenth of a second. It may end at another word, or for another reason; that none is found
- * promises nothing. Its items stand at the front of room items, as many as fit, and those behind
- * stay. A program that V1 to V5 refuse has no run, since it is refused as a whole. The search asks
- * for memory by onfiseq_alloc, 8 MB and its longest run at most, and gives all of it back; without
- * memory for it there is no run. examples/c/pool.c has the memory in a block of yours.
+ * searched for, in so many steps at most: words that come, in all the runs that are tried. For each
+ * step 32 cycles may come, and a run has at most 524,288; one that needs more isn't tried. It may
+ * end at another word, or for another reason; that none is found promises nothing. Its items stand
+ * at the front of room items, as many as fit, and those behind stay. A program that V1 to V5 refuse
+ * has no run, since it is refused as a whole. The search asks for memory by onfiseq_alloc, 16 MB at
+ * most for 100,000 steps, and gives all of it back; without memory for it there is no run.
+ * examples/c/pool.c has the memory in a block of yours.
  */
 struct onfiseq_verdict onfiseq_verify_run(const uint8_t *page, size_t page_length,
                                           const uint8_t *file, size_t file_length,
