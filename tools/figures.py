@@ -27,6 +27,7 @@ FIRMWARE = {"one C file, firmware ": None, "libraries, firmware ": "out/machines
 # What a firmware is to take at most, as goals: over the one C file, and over the libraries.
 GOALS = {
     "one C file, firmware from_wire": {"flash": "130,000", "RAM": "10,000 beside the records", "a push": "700", "a step": "4,000"},
+    "libraries, firmware from_wire": {"flash": "120,000", "RAM": "8,000 beside the records", "a push": "662", "a step": "3,692"},
     "one C file, firmware checker": {"flash": "40,000", "RAM": "3,000", "a push": "1,500"},
     "libraries, firmware checker": {"flash": "24,000", "RAM": "2,000", "a push": "1,100"},
     "one C file, firmware two_dies": {"flash": "48,000", "RAM": "3,000", "a step": "10,000"},

@@ -42,7 +42,7 @@ STEPS = {
     "processors": (
         "tools/machines --check",
         "tools/machines/try/retarget.py",
-        "tools/machines --only i686-linux,cortex-m0plus",
+        "tools/machines --only i686-linux,cortex-m4,cortex-m0plus",
         "tools/machines/try/compare.py --short",
         "tools/machines/try/firmware.py out/machines",
     ),

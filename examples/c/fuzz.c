@@ -104,6 +104,7 @@ static size_t random_op(struct onfiseq_part *parts) {
         parts[k].kind = (uint8_t)kinds[draw(sizeof kinds - 1)];
         parts[k].count = parts[k].kind == 'C' ? 1 : parts[k].kind == 'A' ? 3 + 2 * draw(2) : draw(1200);
         if (draw(16) == 0) parts[k].count = draw(draw(4) ? 9 : 0xffffffff);
+        if (parts[k].kind == 'O' && parts[k].count > 0xffff) parts[k].count = 0xffff; /* a status may be taken for ever, and each cycle of it is tried alone too */
         if (parts[k].kind == 'C') parts[k].bytes[0] = bytes[draw(sizeof bytes)];
     }
     if (draw(2) == 0 && count > 2) parts[0].kind = 'C', parts[0].count = 1, parts[0].bytes[0] = 0x80, parts[1].kind = 'A', parts[1].count = 5, parts[2].kind = 'I';

@@ -1,7 +1,7 @@
 """Builds the firmwares of examples/cortex_m for simulated boards, runs them under qemu-system-arm, and compares what they print; their scripts say how much they may take.
 
     python3 tools/machines/try/firmware.py           over release/onfiseq.c alone, or over the C file that SOURCE names
-    python3 tools/machines/try/firmware.py OUT       over the libraries of `python3 tools/machines OUT`, in OUT/cortex-m0plus
+    python3 tools/machines/try/firmware.py OUT       over the libraries of `python3 tools/machines OUT`, in OUT/cortex-m4 and OUT/cortex-m0plus
 
 at the root. It tells the flash, the RAM with all stacks, what of it are records, and the instructions of a push and of a step; tools/figures.py keeps those numbers.
 """
@@ -31,10 +31,10 @@ def most_of(*sets):
 
 
 # A firmware: where its source stands, its script, its processor, its board and the kHz of that, what it leaves out of the one C file and lends to it, and its own stack
-# over the libraries, which take theirs from it; None for one that isn't tried over them, as it would need a heap there.
+# over the libraries, which take theirs from it, and their memory, if any, from a block of examples/c/pool.c.
 Firmware = namedtuple("Firmware", "folder script cpu board clock lent stack")
 FIRMWARES = {
-    "from_wire": Firmware(HERE, "from_wire", "cortex-m4", "mps2-an386", 25000, [most_of("VERIFY", "LIVE", "LIVE_BEGIN", "BEGIN", "PUSH"), "-DONFISEQ_MEMORY=(ONFISEQ_STACK + 512)"], None),
+    "from_wire": Firmware(HERE, "from_wire", "cortex-m4", "mps2-an386", 25000, [most_of("VERIFY", "LIVE", "LIVE_BEGIN", "BEGIN", "PUSH"), "-DONFISEQ_MEMORY=(ONFISEQ_STACK + 512)"], 17408),
     "two_dies": Firmware(HERE, "two_dies", "cortex-m0plus", "microbit", 16000, [most_of("LIVE", "LIVE_BEGIN"), "-DONFISEQ_WITHOUT_VERIFY"], 4096),
     "checker": Firmware("tools/machines/try/cortex_m", "two_dies", "cortex-m0plus", "microbit", 16000, [most_of("BEGIN", "PUSH"), "-DONFISEQ_WITHOUT_VERIFY", "-DONFISEQ_WITHOUT_LIVE"], 4096),
 }
@@ -46,6 +46,7 @@ def built(name, out, room):
     over, options = [SOURCE], [*ALONE, *it.lent, "-Iinclude"]
     if out is not None:
         over, options = ["%s/%s/%s" % (out, it.cpu, file) for file in ("onfiseq_calls.c", "libonfiseq.a")], ["-I%s/%s" % (out, it.cpu), "-Wl,--defsym=own_stack=%d" % it.stack]
+        over, options = ["examples/c/pool.c", *over], ["-DROOM=512", *options]
     sources = ["%s/%s.c" % (HERE, part) for part in ("start", "board", "chips")] + ["%s/%s.c" % (it.folder, name), *over]
     subprocess.run(["arm-none-eabi-gcc", "-mcpu=" + it.cpu, *FLAGS, "-DCLOCK_KHZ=%d" % it.clock, *options, *sources, *LINK, "-T", "%s/%s.ld" % (HERE, it.script), "-o", program], check=True)
     return program

@@ -29,6 +29,7 @@ FORMS = {
     "unchecked": (["gcc", "-O1", "-DONFISEQ_UNCHECKED"], ["gcc", "-O1"], []),
     "for 32 bits": (["gcc", "-m32", "-O1"], ["gcc", "-m32", "-O1"], []),
     "by the addresses of an i386": (["gcc", "-m32", "-malign-double", "-O1", *DIRECT], ["gcc", "-m32", "-malign-double", "-O1"], []),
+    "for a 32-bit ARM": ([ARM[0], "-mthumb", "-O1"], ARM, ["qemu-arm"]),
     "by the addresses of a Cortex-M4": (bare("cortex-m4", "-mfloat-abi=soft"), ARM, ["qemu-arm"]),
     "by the addresses of a Cortex-M0+": (bare("cortex-m0plus"), ARM, ["qemu-arm"]),
 }
